@@ -1,0 +1,4 @@
+pub mod CheckedRecords
+pub mod ImageRows
+pub mod SoundRows
+pub mod WriteLaws

@@ -1,0 +1,11 @@
+pub mod Access
+pub mod CheckedRecord
+pub mod Images
+pub mod Loans
+pub mod LocatedRecord
+pub mod Numbers
+pub mod RefusalOrder
+pub mod Sector
+pub mod Sound
+pub mod Words
+pub mod WriteLaw
