@@ -6,3 +6,4 @@ pub mod Sound
 pub mod Bijection
 pub mod TrackMajor
 pub mod Models
+pub mod Examples

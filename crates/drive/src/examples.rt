@@ -2,6 +2,7 @@ use crate::drive_model::DriveModel;
 use crate::rad_model::RadDrive;
 use crate::rad_model::RadModel;
 ghost use mathlib.Core.Path.{_≡_};
+ghost use Rattle.drive.specs.Examples.{edgesByRule};
 ghost use Rattle.std.specs.declared.option.Option.the-variants.{Some};
 
 /// What the models answer at the edges of their tracks and switches.
@@ -19,8 +20,10 @@ pub struct EdgeExamples {
 }
 
 /// Numbers of first and last places, the switches of the 3214's tracks 63 and 64, between which its first
-/// switch ends, and the sectors of a unit of each model. The contract has the values worked by hand.
+/// switch ends, and the sectors of a unit of each model. The contract has the values worked by hand,
+/// and that the rules give them.
 pub fn edge_examples() -> EdgeExamples
+    ensures rule { λ r. ⌜ r ≡ edgesByRule ⌝ }
     ensures last_of_3214 { λ r. ⌜ r .«last_of_3214» ≡ Some 2815 ⌝ }
     ensures last_of_7212 { λ r. ⌜ r .«last_of_7212» ≡ Some 5247 ⌝ }
     ensures second_sector_of_3214 { λ r. ⌜ r .«second_sector_of_3214» ≡ Some 1 ⌝ }
