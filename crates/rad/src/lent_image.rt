@@ -1,30 +1,28 @@
 //! What the program does to the memory that holds its image.
 ghost use mathlib.Core.Path.{_≡_};
 ghost use Rattle.rad.specs.Damage.{byteAt, inverted};
-ghost use Rattle.std.specs.declared.result.Result.the-variants.{Ok};
-ghost use Rattle.store.specs.Access.{readAnswer, readBuffer, then, writeAnswer, writeSectors};
-ghost use Rattle.store.specs.Images.{checkedSectors};
-ghost use Rattle.store.specs.declared.sector_mark.Mark.the-variants.{Good};
+ghost use Rattle.store.specs.Access.{readAnswer, readBuffer, writeAnswer};
+ghost use Rattle.store.specs.CheckedRecord.{goodRecord};
+ghost use Rattle.store.specs.Images.{checkedSectors, writtenImage};
 use store::CheckedImage;
 use store::CheckedStore;
 use store::Mark;
 use store::SECTOR_BYTES;
 use store::SectorStore;
 use store::StoreFault;
-use store::write_verified;
 
-/// Writes sector n of the image in this memory, and answers what its read back said.
+/// Writes sector n of the image in this memory. Of its bytes those of the sector's record change and no
+/// others, and none if the write is refused.
 pub fn write_sector(
     memory: &mut [u8],
     n: u32,
     content: &[u8; SECTOR_BYTES],
-) -> Result<Mark, StoreFault<u32>>
-    ensures answer { λ r. ⌜ r ≡ then (writeAnswer (λ k. k) (checkedSectors (now (memory .entry))) n (now (content .entry))) (Ok Good) ⌝ }
-    ensures after { λ _. ⌜ checkedSectors (now (memory .exit)) ≡ writeSectors (checkedSectors (now (memory .entry))) n (now (content .entry)) ⌝ }
+) -> Result<(), StoreFault<u32>>
+    ensures answer { λ r. ⌜ r ≡ writeAnswer (λ k. k) (checkedSectors (now (memory .entry))) n (now (content .entry)) ⌝ }
+    ensures after { λ _. ⌜ now (memory .exit) ≡ writtenImage 1029 checkedSectors goodRecord (now (memory .entry)) n (now (content .entry)) ⌝ }
 {
     let mut image = CheckedImage::over(memory);
-    let mut back = [0u8; SECTOR_BYTES];
-    write_verified(&mut image, n, content, &mut back)
+    image.write(n, content)
 }
 
 /// Reads sector n of the image in this memory, which stays as it is.

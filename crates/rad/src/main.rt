@@ -2,8 +2,8 @@
 //! compares, damages a byte, shows which sector turned bad, and mends it by writing it again. Each line
 //! says what was done and what came back.
 ghost use mathlib.Core.Path.{_≡_};
-ghost use Rattle.std.specs.Vec.{made};
-ghost use Rattle.std.specs.declared.option.Option.the-variants.{Some};
+ghost use Rattle.std.specs.Results.{Cases};
+ghost use Rattle.std.specs.declared.option.Option.the-variants.{None, Some};
 ghost use Rattle.drive.specs.declared.rad_model.RadModel.the-variants.{Bench};
 ghost use Rattle.drive.specs.Models.{shapeOf};
 ghost use Rattle.drive.specs.Places.{placeAt};
@@ -33,6 +33,7 @@ use store::SectorStore;
 use store::StoreFaultDisplay;
 use store::StoreFaultError;
 use store::sector_sum;
+use store::write_verified;
 
 const MODEL: RadModel = RadModel::Bench;
 
@@ -87,7 +88,7 @@ fn open_image(rt: &LibcRuntime, memory: &mut [u8]) -> Result<(), AnyError> {
 
 // A sector's place in the model.
 fn place_of(number: u32) -> Result<(u32, u32), AnyError>
-    ensures { λ r. ⌜ made r (λ place. placeAt (trackMajor (shapeOf Bench)) number ≡ Some place) ⌝ }
+    ensures { λ r. ⌜ Cases r (λ place. placeAt (trackMajor (shapeOf Bench)) number ≡ Some place) (λ _. placeAt (trackMajor (shapeOf Bench)) number ≡ None) ⌝ }
 {
     match MODEL.place(number) {
         Some(place) => Ok(place),
@@ -103,7 +104,9 @@ fn write_record(
     let len = record.len();
     println!(rt, "write a record of {len} bytes at number {FIRST}:")?;
     for (number, part) in (FIRST..MODEL.unit_sectors()).zip(record.chunks(SECTOR_BYTES)) {
-        let mark = write_sector(memory, number, &padded_sector(part))?;
+        let mut back = [0u8; SECTOR_BYTES];
+        write_sector(memory, number, &padded_sector(part))?;
+        let mark = read_sector(memory, number, &mut back)?;
         let (track, sector) = place_of(number)?;
         let bytes = part.len();
         let zeros = SECTOR_BYTES.saturating_sub(bytes);
@@ -195,15 +198,12 @@ fn rewrite_sector(
     memory: &mut [u8],
     record: &[u8; RECORD_LEN],
 ) -> Result<(), AnyError> {
-    let mut buffer = [0u8; SECTOR_BYTES];
-    write_sector(
-        memory,
-        DAMAGED,
-        &padded_sector(&record[SECTOR_BYTES..RECORD_LEN]),
-    )?;
-    let mark = read_sector(memory, DAMAGED, &mut buffer)?;
+    let content = padded_sector(&record[SECTOR_BYTES..RECORD_LEN]);
+    let mut back = [0u8; SECTOR_BYTES];
+    let mut image = CheckedImage::over(memory);
+    let mark = write_verified(&mut image, DAMAGED, &content, &mut back)?;
     println!(rt, "write number {DAMAGED} again and read it back:")?;
-    show_sector(rt, DAMAGED, mark, &buffer)
+    show_sector(rt, DAMAGED, mark, &back)
 }
 
 fn read_past_the_end(rt: &LibcRuntime, memory: &mut [u8]) -> Result<(), AnyError> {
