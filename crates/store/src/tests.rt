@@ -11,6 +11,7 @@ use crate::sector_mark::MarkPartialEq;
 use crate::sector_store::SectorStore;
 use crate::store_fault::StoreFault;
 use crate::store_fault::StoreFaultDebug;
+use crate::store_fault::StoreFaultDisplay;
 use crate::store_fault::StoreFaultPartialEq;
 use std::test::*;
 
@@ -106,6 +107,16 @@ fn refusals_have_their_numbers() -> Result<(), Fail> {
     check_eq(StoreFault::NoSector(7u32).number(), 50)?;
     check_eq(StoreFault::<u32>::BufferLength.number(), 51)?;
     check_eq(StoreFault::DeadSector(7u32).number(), 52)
+}
+
+#[test]
+fn refusals_have_their_words(rt: LibcRuntime) -> Result<(), Fail> {
+    let absent = StoreFault::NoSector(7u32).to_string(rt.alloc())?;
+    let short = StoreFault::<u32>::BufferLength.to_string(rt.alloc())?;
+    let dead = StoreFault::DeadSector(7u32).to_string(rt.alloc())?;
+    check_eq(absent.as_str(), "50: there is no sector 7")?;
+    check_eq(short.as_str(), "51: the buffer is not as long as a sector")?;
+    check_eq(dead.as_str(), "52: sector 7 is dead")
 }
 
 // Any state but 0 is dead.
