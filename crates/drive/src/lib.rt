@@ -4,6 +4,7 @@
 //! `DriveModel` is the trait that code above is written over, and `RadModel` has the built-in models.
 //! How a model numbers its places is open: code above may use only that the numbering is a bijection
 //! between the places of a unit and the numbers below its count of sectors.
+#![tactic(auto)]
 
 pub mod address_byte;
 pub mod drive_model;

@@ -1,6 +1,8 @@
 //! Stores a record of 1,500 bytes on a fresh checked image of the bench model, reads it back and
 //! compares, damages a byte, shows which sector turned bad, and mends it by writing it again. Each line
 //! says what was done and what came back.
+#![tactic(auto)]
+
 ghost use Rattle.std.specs.Prelude.{◌≡◌, Some, None, MatchResult};
 ghost use Rattle.drive.specs.declared.rad_model.RadModel.TheVariants.{Bench};
 ghost use Rattle.drive.specs.Models.{shape_of};

@@ -1,5 +1,5 @@
 use Rattle.std.specs.Prelude.{ℕ, ◌+◌, ◌*◌, ◌/◌, ◌%◌, Bool, cond, ◌&&◌, List, ◌++◌, map, length, take, drop, Ok, Err, Result, ◌==◌, nat_le}
-use Rattle.std.specs.Borrow.{Bor}
+use Rattle.std.specs.Borrow.{MutBor}
 use Rattle.std.specs.List.{range_with_len}
 use Rattle.store.specs.declared.unfit_image.UnfitImage.{UnfitImage}
 use Rattle.store.specs.Access.{access, if_taken}
@@ -11,7 +11,7 @@ abbrev pub fit : ℕ → ℕ → Bool
 fit w len = len % w == 0 && nat_le (len / w) 4294967295
 
 -- opening an image on lent memory: made of it, or refused with it handed back
-abbrev pub opened : {I : Type 0} → (Bor (List ℕ) → I) → ℕ → Bor (List ℕ) → Result I UnfitImage
+abbrev pub opened : {I : Type 0} → (MutBor (List ℕ) → I) → ℕ → MutBor (List ℕ) → Result I UnfitImage
 opened image w memory = cond (fit w (length memory.now)) (Ok (image memory)) (Err (record { bytes = memory }))
 
 -- how many records of w bytes so many bytes hold; memory that is not fit holds none

@@ -2,6 +2,8 @@
 //!
 //! `SectorStore` is the trait that code above is written over. `PlainImage` and `CheckedImage` are
 //! stores in memory that the caller lends.
+#![tactic(auto)]
+
 pub mod checked_image;
 mod checked_record;
 mod image_records;

@@ -5,5 +5,5 @@ use Rattle.store.proofs.checked_record.kept_bytes.Goals as goal
 
 pub returns : goal.returns
 returns c =
-    let digits = c.to-be-bytes.ensures ∙ ap big_endian c.sum-of.ensures.is in
+    let digits = c.to_be_bytes.ensures ∙ ap big_endian c.sum_of.ensures.is in
     record { rule = digits ∙ sym (drop-good_record c.args.content.now (omega arith)); digits = digits }

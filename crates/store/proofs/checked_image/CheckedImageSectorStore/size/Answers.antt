@@ -6,5 +6,5 @@ use Rattle.store.proofs.checked_image.CheckedImageSectorStore.size.Goals as goal
 
 pub returns : goal.returns
 returns c =
-    let counted = c.count-records.ensures in
+    let counted = c.count_records.ensures in
     record { count = counted.count ∙ sym (length-image_sectors 1029 checked_sector _); sound = Sound-image_sectors 1029 checked_sector _ checked_reads counted.bytes }
