@@ -8,4 +8,4 @@ front : (n k : ℕ) (ys zs : List ℕ) → ys ≡ zs → ys ++ drop (k - 0) (rep
 front n k ys zs e = simp (e, sub-zero, drop-replicate)
 
 pub returns : goal.returns
-returns c = front 1024 (length c.args.part.now) c.copy-from-slice.new.self c.args.part.now c.copy-from-slice.ensures.after
+returns c = front 1024 (length c.args.part.now) c.copy_from_slice.new.self c.args.part.now c.copy_from_slice.ensures.after
