@@ -1,9 +1,11 @@
 use Rattle.std.specs.Prelude.{◌≡◌, ℕ, ◌<◌, true}
-use Rattle.std.proofs.Common.{ap₂, arith, ltb-true, lt-ltb}
+use Rattle.std.proofs.Common.{ap₂, arith, ltb-true, lt-ltb, rules}
 use Rattle.std.proofs.lemmas.Nat.{mul-add-lt, div-mul-add, mod-mul-add, div_below, mod_below, div-add-mod'}
 use Rattle.std.proofs.lemmas.Bool.{and_parts, and_from}
 use Rattle.drive.specs.declared.drive_shape.Shape.{Shape}
+use Rattle.drive.specs.declared.rad_model.RadModel.{RadModel}
 use Rattle.drive.specs.Geometry.{Geometry}
+use Rattle.drive.specs.Models.{shape_of}
 use Rattle.drive.specs.Places.{inside}
 use Rattle.drive.specs.Sound.{Bounded, Sound}
 use Rattle.drive.specs.TrackMajor.{track_major}
@@ -27,3 +29,7 @@ Sound-track_major s b =
           ap₂ (λ (a b : ℕ). (a, b)) (div-mul-add p.0 w p.1 (sector_inside g p h)) (mod-mul-add p.0 w p.1 (sector_inside g p h));
       number_of_place = λ n h. div-add-mod' n w;
     }
+
+-- Each row of the table keeps the bounds.
+pub Sound-shape_of : (m : RadModel) → Sound (track_major (shape_of m))
+Sound-shape_of m = Sound-track_major (shape_of m) (search rules)

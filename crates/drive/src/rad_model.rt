@@ -1,7 +1,6 @@
 ghost use Rattle.drive.specs.Models.{shape_of};
 ghost use Rattle.drive.specs.TrackMajor.{track_major};
-ghost use Rattle.std.proofs.Common.{rules};
-ghost use Rattle.drive.specs.TrackMajors.{Sound-track_major};
+ghost use Rattle.drive.specs.TrackMajors.{Sound-shape_of};
 
 use crate::address_byte::AddressByte;
 use crate::drive_model::DriveModel;
@@ -20,7 +19,7 @@ impl DriveModel for RadModel {
     ghost geometry = { λ m. track_major (shape_of m) };
 
     // The numbering is sound at any counts within the bounds, and each row of the table keeps them.
-    ghost sound = { λ m. Sound-track_major (shape_of m) (Prim.search rules) };
+    ghost sound = { Sound-shape_of };
 
     fn shape(&self) -> Shape {
         match *self {
