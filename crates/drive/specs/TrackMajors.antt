@@ -30,6 +30,6 @@ Sound-track_major s b =
       number_of_place = λ n h. div-add-mod' n w;
     }
 
--- Each row of the table keeps the bounds.
+-- Each row of the table keeps the bounds, so every built-in model is sound.
 pub Sound-shape_of : (m : RadModel) → Sound (track_major (shape_of m))
 Sound-shape_of m = Sound-track_major (shape_of m) (search rules)

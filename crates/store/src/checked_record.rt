@@ -1,5 +1,5 @@
 //! The record of a sector in a checked image: a state byte, the data and the sum of the data.
-ghost use Rattle.std.specs.Prelude.{◌≡◌, ◌≤◌, [], ◌∷◌, length, drop, replicate, ◌==◌, slice_index_or};
+ghost use Rattle.std.specs.Prelude.{◌≡◌, ◌≤◌, [], ◌∷◌, length, drop, replicate, ◌==◌, slice_index};
 ghost use Rattle.store.specs.Access.{marked};
 ghost use Rattle.store.specs.CheckedRecord.{big_endian, checksum, data_of, good_record, kept_sum, laid_out, state_of};
 
@@ -64,7 +64,7 @@ fn sum_matches(record: &[u8]) -> bool
 // Whether the record's sector is in use.
 pub(crate) fn in_use(record: &[u8]) -> bool
     requires { length «record».now ≡ 1029 }
-    ensures { result ≡ (slice_index_or «record».now 0 0 == 0) }
+    ensures { result ≡ (slice_index «record».now 0 == 0) }
 {
     record[0] == IN_USE
 }

@@ -28,8 +28,8 @@ pub trait SectorStore {
 
     /// How many sectors the row has.
     ///
-    /// What holds of the row of every store stands here, since a law of the trait would leave an image,
-    /// which has a lifetime, without a generated proof.
+    /// What holds of the row of every store stands here and not in a law of the trait, where a byte in
+    /// memory would be any number.
     fn size(&self) -> u32
         ensures count { result ≡ length (sectors self.now) }
         ensures sound { Sound (sectors self.now) };

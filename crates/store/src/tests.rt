@@ -98,7 +98,7 @@ fn an_empty_image_has_no_sectors(rt: HostRuntime) -> Result<(), Fail> {
         Ok(image) => {
             assert_eq!(rt; image.size(), 0);
             Ok(())
-        },
+        }
         Err(_) => Err(Fail::new("an empty image was refused")),
     }
 }
