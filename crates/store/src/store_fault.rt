@@ -1,5 +1,6 @@
-ghost use Rattle.std.specs.Prelude.{◌≡◌};
+ghost use Rattle.std.specs.Prelude.{◌≡◌, Some};
 ghost use Rattle.store.specs.Numbers.{fault_number};
+ghost use Rattle.store.specs.Words.{fault_words};
 
 use std::error::Error;
 use std::fmt;
@@ -29,6 +30,8 @@ impl<Name> StoreFault<Name> {
 }
 
 impl fmt::Display for StoreFault<u32> {
+    ghost output = { λ f. Some (fault_words f) };
+
     fn fmt<W: fmt::Write>(&self, f: &mut fmt::Formatter<W>) -> fmt::Result {
         let number = self.number();
         match self {
