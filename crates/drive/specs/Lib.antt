@@ -7,4 +7,5 @@ pub mod Bijection
 pub mod TrackMajor
 pub mod Models
 pub mod Examples
-pub mod TrackMajors
+pub mod TrackMajorLaws
+pub mod Words

@@ -7,6 +7,6 @@ abbrev pub track_major : Shape → Geometry
 track_major s =
     record {
       shape = s;
-      number = λ p. p.0 * s.sectors_per_track + p.1;
-      place = λ n. (n / s.sectors_per_track, n % s.sectors_per_track);
+      number = λ p. p.track * s.sectors_per_track + p.sector;
+      place = λ n. record { track = n / s.sectors_per_track; sector = n % s.sectors_per_track };
     }

@@ -1,10 +1,11 @@
 ghost use Rattle.std.specs.Prelude.{◌≡◌};
 ghost use Rattle.drive.specs.Geometry.{Geometry};
 ghost use Rattle.drive.specs.Places.{number_at, place_at, unit_sectors};
-ghost use Rattle.drive.specs.Sound.{Sound};
+ghost use Rattle.drive.specs.Sound.{IsSound};
 ghost use Rattle.drive.specs.Switches.{switch_at};
 
 use crate::drive_shape::Shape;
+use crate::place::Place;
 
 /// A model of a drive. Whoever brings one proves that its counts keep their bounds, and that its
 /// numbers and places undo each other.
@@ -15,12 +16,12 @@ pub trait DriveModel {
     fn shape(&self) -> Shape
         ensures { result ≡ (geometry self.now).shape };
 
-    /// The number of a place `(track, sector)`; a place outside the tracks or sectors has none.
-    fn number(&self, place: (u32, u32)) -> Option<u32>
+    /// The number of a place; a place outside the tracks or sectors has none.
+    fn number(&self, place: Place) -> Option<u32>
         ensures { result ≡ number_at (geometry self.now) place };
 
-    /// The place `(track, sector)` of a number; a number past the unit's last has none.
-    fn place(&self, number: u32) -> Option<(u32, u32)>
+    /// The place of a number; a number past the unit's last has none.
+    fn place(&self, number: u32) -> Option<Place>
         ensures { result ≡ place_at (geometry self.now) number };
 
     /// How many sectors a unit has.
@@ -36,12 +37,8 @@ pub trait DriveModel {
         ensures { result ≡ switch_at (geometry self.now) track }
     {
         let shape = self.shape();
-        if track < shape.tracks {
-            Some(track / shape.tracks_per_switch)
-        } else {
-            None
-        }
+        (track < shape.tracks).then(|| track / shape.tracks_per_switch)
     }
 
-    ghost sound: { (m : Self) → Sound (geometry m) };
+    ghost sound: { (m : Self) → IsSound (geometry m) };
 }

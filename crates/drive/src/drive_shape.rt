@@ -1,7 +1,7 @@
 use crate::address_byte::AddressByte;
 
 /// The counts of a drive model, a row of the table of models.
-#[derive(Clone, Copy)]
+#[derive(Clone, Copy, Debug, PartialEq, Eq)]
 pub struct Shape {
     pub tracks: u32,
     pub sectors_per_track: u32,

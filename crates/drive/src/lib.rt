@@ -1,5 +1,5 @@
 //! Drive models of a RAD disc: how many tracks, sectors, write-protect switches, ports and units
-//! a model has, and how its places `(track, sector)` are numbered.
+//! a model has, and how its places are numbered.
 //!
 //! `DriveModel` is the trait that code above is written over, and `RadModel` has the built-in models.
 //! How a model numbers its places is open: code above may use only that the numbering is a bijection
@@ -11,6 +11,7 @@ pub mod drive_model;
 pub mod drive_shape;
 pub mod examples;
 pub mod numbering;
+pub mod place;
 pub mod rad_model;
 #[cfg(test)]
 mod tests;
@@ -21,4 +22,5 @@ pub use drive_model::DriveModel;
 pub use drive_shape::Shape;
 pub use examples::{EdgeExamples, edge_examples};
 pub use numbering::round_trip;
+pub use place::Place;
 pub use rad_model::RadModel;

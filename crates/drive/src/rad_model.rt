@@ -1,14 +1,15 @@
 ghost use Rattle.drive.specs.Models.{shape_of};
 ghost use Rattle.drive.specs.TrackMajor.{track_major};
-ghost use Rattle.drive.specs.TrackMajors.{Sound-shape_of};
+ghost use Rattle.drive.specs.TrackMajorLaws.{IsSound-shape_of};
 
 use crate::address_byte::AddressByte;
 use crate::drive_model::DriveModel;
 use crate::drive_shape::Shape;
-use crate::track_major::{number_of, place_of};
+use crate::place::Place;
+use crate::track_major::TrackMajor;
 
 /// The built-in models: two drives that were made, and a small one for the bench.
-#[derive(Clone, Copy)]
+#[derive(Clone, Copy, Debug, PartialEq, Eq)]
 pub enum RadModel {
     Sds7212,
     Xerox3214,
@@ -19,7 +20,7 @@ impl DriveModel for RadModel {
     ghost geometry = { λ m. track_major (shape_of m) };
 
     // The numbering is sound at any counts within the bounds, and each row of the table keeps them.
-    ghost sound = { Sound-shape_of };
+    ghost sound = { IsSound-shape_of };
 
     fn shape(&self) -> Shape {
         match *self {
@@ -50,11 +51,13 @@ impl DriveModel for RadModel {
         }
     }
 
-    fn number(&self, place: (u32, u32)) -> Option<u32> {
-        number_of(self.shape(), place)
+    fn number(&self, place: Place) -> Option<u32> {
+        let shape = self.shape();
+        TrackMajor { shape }.number(place)
     }
 
-    fn place(&self, number: u32) -> Option<(u32, u32)> {
-        place_of(self.shape(), number)
+    fn place(&self, number: u32) -> Option<Place> {
+        let shape = self.shape();
+        TrackMajor { shape }.place(number)
     }
 }

@@ -1,8 +1,10 @@
-//! What the program does to the memory that holds its image.
+//! What the program does to the memory that holds its image. Functions over the memory and not methods of a
+//! struct that holds it, lent or as a `Vec`: there the clauses that say what the memory holds afterwards were
+//! tried, and did not close, since a method that lends its field on does not learn what comes back.
 ghost use Rattle.std.specs.Prelude.{◌≡◌};
-ghost use Rattle.rad.specs.Damage.{byte_at, inverted};
+ghost use Rattle.rad.specs.Damage.{byte_at, with_byte_inverted};
 ghost use Rattle.store.specs.Access.{read_answer, read_buffer, write_answer};
-ghost use Rattle.store.specs.CheckedRecord.{good_record};
+ghost use Rattle.store.specs.Formats.{checked_format};
 ghost use Rattle.store.specs.Images.{checked_sectors, written_image};
 
 use store::{CheckedImage, Mark, SECTOR_BYTES, SectorStore, StoreFault};
@@ -15,7 +17,7 @@ pub fn write_sector(
     content: &[u8; SECTOR_BYTES],
 ) -> Result<(), StoreFault<u32>>
     ensures answer { result ≡ write_answer (λ k. k) (checked_sectors memory.old) n content.now }
-    ensures after { memory.new ≡ written_image 1029 checked_sectors good_record memory.old n content.now }
+    ensures after { memory.new ≡ written_image 1029 checked_format memory.old n content.now }
 {
     let mut image = CheckedImage::over(memory);
     image.write(n, content)
@@ -38,12 +40,9 @@ pub fn read_sector(
 /// Inverts one byte of the memory, and answers what it was; past the end there is none.
 pub fn invert_byte(memory: &mut [u8], at: usize) -> Option<u8>
     ensures answer { result ≡ byte_at memory.old at }
-    ensures after { memory.new ≡ inverted memory.old at }
+    ensures after { memory.new ≡ with_byte_inverted memory.old at }
 {
-    if at >= memory.len() {
-        return None;
-    }
-    let old = memory[at];
+    let old = *memory.get(at)?;
     memory[at] = 255 - old;
     Some(old)
 }

@@ -1,7 +1,8 @@
 //! The record that the program stores, cut into sectors.
-ghost use Rattle.std.specs.Prelude.{◌≡◌, ℕ, ◌%◌, ◌<◌, ◌≤◌, length, take, Decides, slice_index};
-ghost use Rattle.rad.specs.Padding.{padded};
+ghost use Rattle.std.specs.Prelude.{◌≡◌, ◌↔◌, ℕ, ◌%◌, ◌<◌, ◌≤◌, length, take, IsTrue, slice_index};
+ghost use Rattle.rad.specs.Padding.{padded_part};
 
+use std::array;
 use store::SECTOR_BYTES;
 
 /// The length of the record.
@@ -11,46 +12,31 @@ pub const RECORD_LEN: usize = 1500;
 pub fn sample_record() -> [u8; RECORD_LEN]
     ensures { (k : ℕ) → k < 1500 → slice_index result k ≡ k % 256 }
 {
-    let mut bytes = [0u8; RECORD_LEN];
-    for i in 0..RECORD_LEN {
-        bytes[i] = (i % 256) as u8;
-    }
-    bytes
+    array::from_fn(|i| (i % 256) as u8)
 }
 
 /// A sector that holds a part of a record, and zeros after it. Of a part that is longer than a sector
 /// it holds the beginning.
+#[tactic(auto, using(std::proofs::lemmas::List::take_min))]
 pub fn padded_sector(part: &[u8]) -> [u8; SECTOR_BYTES]
-    ensures { result ≡ padded (take 1024 part.now) }
+    ensures { result ≡ padded_part (take 1024 part.now) }
 {
-    if part.len() <= SECTOR_BYTES {
-        pad(part)
-    } else {
-        pad(&part[0..SECTOR_BYTES])
-    }
-}
-
-/// Whether a sector holds this part of a record, and zeros after it.
-pub fn holds_part(sector: &[u8; SECTOR_BYTES], part: &[u8]) -> bool
-    ensures { Decides result (sector.now ≡ padded (take 1024 part.now)) }
-{
-    same_bytes(sector, &padded_sector(part))
-}
-
-// Whether two sectors hold the same bytes.
-fn same_bytes(one: &[u8; SECTOR_BYTES], other: &[u8; SECTOR_BYTES]) -> bool
-    ensures { Decides result (one.now ≡ other.now) }
-{
-    *one == *other
+    pad(&part[..SECTOR_BYTES.min(part.len())])
 }
 
 // The part, and zeros up to a sector's length.
 fn pad(part: &[u8]) -> [u8; SECTOR_BYTES]
     requires { length part.now ≤ 1024 }
-    ensures { result ≡ padded part.now }
+    ensures { result ≡ padded_part part.now }
 {
     let mut sector = [0u8; SECTOR_BYTES];
-    let len = part.len();
-    sector[0..len].copy_from_slice(part);
+    sector[0..part.len()].copy_from_slice(part);
     sector
+}
+
+/// Whether a sector holds this part of a record, and zeros after it.
+pub fn holds_part(sector: &[u8; SECTOR_BYTES], part: &[u8]) -> bool
+    ensures { IsTrue result ↔ (sector.now ≡ padded_part (take 1024 part.now)) }
+{
+    *sector == padded_sector(part)
 }

@@ -1,9 +1,11 @@
 pub mod Access
 pub mod CheckedRecord
+pub mod Formats
+pub mod ImageRecord
 pub mod Images
 pub mod Loans
-pub mod LocatedRecord
 pub mod Numbers
+pub mod RecordFormat
 pub mod RefusalOrder
 pub mod Sector
 pub mod Sound

@@ -3,7 +3,7 @@ use Rattle.store.specs.declared.sector_mark.Mark.TheVariants.{Good}
 use Rattle.store.specs.declared.store_fault.StoreFault.{StoreFault}
 use Rattle.store.specs.Access.{read_answer, read_buffer, write_answer, write_sectors}
 use Rattle.store.specs.Sector.{Sector}
-use Rattle.store.specs.Sound.{Bytes, Sound}
+use Rattle.store.specs.Sound.{IsBytes, IsSound}
 
 -- What a write of b to sector n leaves, as the reads after it tell: into any buffer `old` of a sector's
 -- length, and at any other sector k into any buffer at all.
@@ -17,4 +17,4 @@ pub record WriteLaw {W : Type 0} (named : ℕ → W) (ss : List Sector) (n : ℕ
   pub keeps_size : length (write_sectors ss n b) ≡ length ss
   pub keeps_marks : (k : ℕ) → (k ≢ n) → (old : List ℕ) → read_answer named (write_sectors ss n b) k old ≡ read_answer named ss k old
   pub keeps_bytes : (k : ℕ) → (k ≢ n) → (old : List ℕ) → read_buffer (write_sectors ss n b) k old ≡ read_buffer ss k old
-  pub stays_sound : Sound ss → Bytes b → Sound (write_sectors ss n b)
+  pub stays_sound : IsSound ss → IsBytes b → IsSound (write_sectors ss n b)

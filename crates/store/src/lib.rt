@@ -4,10 +4,10 @@
 //! stores in memory that the caller lends.
 #![tactic(auto)]
 
-pub mod checked_image;
 mod checked_record;
-mod image_records;
-pub mod plain_image;
+pub mod image;
+mod plain_record;
+mod record_format;
 pub mod sector_mark;
 pub mod sector_store;
 pub mod store_fault;
@@ -16,9 +16,8 @@ mod tests;
 pub mod unfit_image;
 pub mod verified_write;
 
-pub use checked_image::CheckedImage;
 pub use checked_record::{CHECKED_RECORD_BYTES, largest_sum, sector_sum};
-pub use plain_image::PlainImage;
+pub use image::{CheckedImage, PlainImage};
 pub use sector_mark::Mark;
 pub use sector_store::SectorStore;
 pub use store_fault::StoreFault;

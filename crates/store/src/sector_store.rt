@@ -2,7 +2,7 @@ ghost use Rattle.std.specs.Prelude.{◌≡◌, ℕ, List, length};
 ghost use Rattle.store.specs.Access.{read_answer, read_buffer, write_answer, write_sectors};
 ghost use Rattle.store.specs.Loans.{Loans};
 ghost use Rattle.store.specs.Sector.{Sector};
-ghost use Rattle.store.specs.Sound.{Sound};
+ghost use Rattle.store.specs.Sound.{IsSound};
 
 use crate::sector_mark::Mark;
 use crate::store_fault::StoreFault;
@@ -12,6 +12,8 @@ use crate::store_fault::StoreFault;
 /// A read and a write are refused by the first of three checks that fails: the sector is there (else
 /// `NoSector`), the buffer has 1,024 bytes (else `BufferLength`), the sector is not dead (else
 /// `DeadSector`). A refused call alters neither store nor buffer.
+///
+/// A buffer is a slice and not an array, since the answer to one of another length is a rule.
 pub trait SectorStore {
     /// How the store names a sector in the report of a refusal.
     type Name;
@@ -32,7 +34,7 @@ pub trait SectorStore {
     /// memory would be any number.
     fn size(&self) -> u32
         ensures count { result ≡ length (sectors self.now) }
-        ensures sound { Sound (sectors self.now) };
+        ensures sound { IsSound (sectors self.now) };
 
     /// Fills the buffer with sector n and answers its mark, or is refused.
     fn read(&self, n: u32, buffer: &mut [u8]) -> Result<Mark, StoreFault<Self::Name>>

@@ -17,7 +17,8 @@ pub enum StoreFault<Name> {
 }
 
 impl<Name> StoreFault<Name> {
-    /// The refusal's number.
+    /// The refusal's number, for those outside who know refusals by it; code passes the fault itself on.
+    // A method, since `u32::from(&fault)` would not say what number that is.
     pub fn number(&self) -> u32
         ensures { result ≡ fault_number self.now }
     {
@@ -29,6 +30,7 @@ impl<Name> StoreFault<Name> {
     }
 }
 
+// By hand, since its words are promised: what `thiserror` would write has no contract.
 impl fmt::Display for StoreFault<u32> {
     ghost output = { λ f. Some (fault_words f) };
 

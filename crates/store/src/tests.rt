@@ -1,9 +1,11 @@
 ghost use Rattle.std.specs.Prelude.{◌≡◌};
-ghost use Rattle.store.specs.CheckedRecord.{good_record};
-ghost use Rattle.store.specs.Images.{checked_sectors, plain_sectors, written_image};
+ghost use Rattle.store.specs.Formats.{checked_format, plain_format};
+ghost use Rattle.store.specs.Images.{written_image};
 
-use crate::checked_image::CheckedImage;
-use crate::plain_image::PlainImage;
+use crate::checked_record::CheckedRecord;
+use crate::image::{CheckedImage, Image, PlainImage};
+use crate::plain_record::PlainRecord;
+use crate::record_format::RecordFormat;
 use crate::sector_mark::Mark;
 use crate::sector_store::SectorStore;
 use crate::store_fault::StoreFault;
@@ -23,10 +25,10 @@ fn refuses_in_order<S: SectorStore<Name = u32>>(rt: &impl Abort, store: &mut S) 
 #[test]
 fn plain_image_refuses_in_order(rt: HostRuntime) -> Result<(), Fail> {
     let mut bytes = [5u8; 2048];
-    match PlainImage::new(&mut bytes) {
-        Ok(mut image) => refuses_in_order(&rt, &mut image),
-        Err(_) => return Err(Fail::new("two whole sectors were refused")),
-    }
+    let Ok(mut image) = PlainImage::new(&mut bytes) else {
+        return Err(Fail::new("two whole sectors were refused"));
+    };
+    refuses_in_order(&rt, &mut image);
     assert_eq!(rt; bytes, [5; 2048]);
     Ok(())
 }
@@ -36,16 +38,26 @@ fn plain_image_refuses_in_order(rt: HostRuntime) -> Result<(), Fail> {
 fn checked_image_refuses_in_order(rt: HostRuntime) -> Result<(), Fail> {
     let mut bytes = [5u8; 2058];
     let mut buffer = [7u8; 1024];
-    match CheckedImage::new(&mut bytes) {
-        Ok(mut image) => {
-            refuses_in_order(&rt, &mut image);
-            assert_eq!(rt; image.read(1, &mut buffer), Err(StoreFault::DeadSector(1)));
-            assert_eq!(rt; image.write(1, &buffer), Err(StoreFault::DeadSector(1)));
-        }
-        Err(_) => return Err(Fail::new("two whole records were refused")),
-    }
+    let Ok(mut image) = CheckedImage::new(&mut bytes) else {
+        return Err(Fail::new("two whole records were refused"));
+    };
+    refuses_in_order(&rt, &mut image);
+    assert_eq!(rt; image.read(1, &mut buffer), Err(StoreFault::DeadSector(1)));
+    assert_eq!(rt; image.write(1, &buffer), Err(StoreFault::DeadSector(1)));
     assert_eq!(rt; buffer, [7; 1024]);
     assert_eq!(rt; bytes, [5; 2058]);
+    Ok(())
+}
+
+// Memory that is no whole number of records is refused, and stays as it was lent.
+fn hands_back<F: RecordFormat<W>, const W: usize>(
+    rt: &impl Abort,
+    bytes: &mut [u8],
+) -> Result<(), Fail> {
+    let Err(unfit) = Image::<F, W>::new(bytes) else {
+        return Err(Fail::new("an image with a byte too many"));
+    };
+    assert_eq!(rt; unfit.number(), 53);
     Ok(())
 }
 
@@ -53,29 +65,24 @@ fn checked_image_refuses_in_order(rt: HostRuntime) -> Result<(), Fail> {
 fn an_image_one_byte_too_long_is_handed_back(rt: HostRuntime) -> Result<(), Fail> {
     let mut plain = [5u8; 2049];
     let mut checked = [5u8; 2059];
-    match PlainImage::new(&mut plain) {
-        Ok(_) => return Err(Fail::new("a plain image with a byte too many")),
-        Err(unfit) => assert_eq!(rt; unfit.number(), 53),
-    }
-    match CheckedImage::new(&mut checked) {
-        Ok(_) => return Err(Fail::new("a checked image with a byte too many")),
-        Err(unfit) => assert_eq!(rt; unfit.number(), 53),
-    }
+    hands_back::<PlainRecord, 1024>(&rt, &mut plain)?;
+    hands_back::<CheckedRecord, 1029>(&rt, &mut checked)?;
     assert_eq!(rt; plain, [5; 2049]);
     assert_eq!(rt; checked, [5; 2059]);
     Ok(())
 }
 
-// What the lender of the memory knows after a write, byte for byte, refused or not.
+// What the lender of the memory knows after a write, byte for byte, refused or not. One function for each name
+// of an image and not a generic one, since these contracts pin which format the name has.
 fn write_to_lent_checked(memory: &mut [u8], n: u32, content: &[u8])
-    ensures { memory.new ≡ written_image 1029 checked_sectors good_record memory.old n content.now }
+    ensures { memory.new ≡ written_image 1029 checked_format memory.old n content.now }
 {
     let mut image = CheckedImage::over(memory);
     let _ = image.write(n, content);
 }
 
 fn write_to_lent_plain(memory: &mut [u8], n: u32, content: &[u8])
-    ensures { memory.new ≡ written_image 1024 plain_sectors (λ b. b) memory.old n content.now }
+    ensures { memory.new ≡ written_image 1024 plain_format memory.old n content.now }
 {
     let mut image = PlainImage::over(memory);
     let _ = image.write(n, content);
@@ -94,13 +101,11 @@ fn memory_that_does_not_fit_is_left(rt: HostRuntime) {
 #[test]
 fn an_empty_image_has_no_sectors(rt: HostRuntime) -> Result<(), Fail> {
     let mut none: [u8; 0] = [];
-    match CheckedImage::new(&mut none) {
-        Ok(image) => {
-            assert_eq!(rt; image.size(), 0);
-            Ok(())
-        }
-        Err(_) => Err(Fail::new("an empty image was refused")),
-    }
+    let Ok(image) = CheckedImage::new(&mut none) else {
+        return Err(Fail::new("an empty image was refused"));
+    };
+    assert_eq!(rt; image.size(), 0);
+    Ok(())
 }
 
 #[test]
@@ -118,6 +123,15 @@ fn refusals_have_their_words(rt: HostRuntime) -> Result<(), Fail> {
     assert_eq!(rt; absent.as_str(), "50: there is no sector 7");
     assert_eq!(rt; short.as_str(), "51: the buffer is not as long as a sector");
     assert_eq!(rt; dead.as_str(), "52: sector 7 is dead");
+    Ok(())
+}
+
+#[test]
+fn marks_have_their_words(rt: HostRuntime) -> Result<(), Fail> {
+    let good = Mark::Good.to_string(rt.alloc())?;
+    let bad = Mark::Bad.to_string(rt.alloc())?;
+    assert_eq!(rt; good.as_str(), "good");
+    assert_eq!(rt; bad.as_str(), "bad");
     Ok(())
 }
 

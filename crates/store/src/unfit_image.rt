@@ -9,6 +9,7 @@ pub struct UnfitImage<'a> {
 
 impl UnfitImage<'_> {
     /// The refusal's number.
+    // A method, as that of a `StoreFault` is.
     pub fn number(&self) -> u32
         ensures { result ≡ unfit_number }
     {

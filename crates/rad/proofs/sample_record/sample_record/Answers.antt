@@ -1,11 +1,7 @@
-use Rattle.std.proofs.Common.{◌<◌, ◌≢◌, length, ◌∙◌, arith, below_more}
-use Rattle.std.proofs.lemmas.List.{get_or-set_other, get_or-set_same, length-set}
+use Rattle.std.proofs.Common.{rules}
 use Rattle.rad.proofs.sample_record.sample_record.Goals as goal
 
-pub loop-i-preserved : goal.loop-i-preserved
-loop-i-preserved c = (
-  length-set _ _ _ ∙ c.loop-i.invariant.0,
-  below_more _ _
-      (λ k h. let ne : k ≢ c.loop-i.i = omega arith in rw get_or-set_other (c.loop-i.invariant.1 k h))
-      (let lt : c.loop-i.i < length c.loop-i.bytes = omega arith in rw get_or-set_same),
-)
+pub returns : goal.returns
+returns c k h =
+    let (p, q, call) = c.from_fn.ensures.items.at k 0 h in
+    search rules
