@@ -1,3 +1,4 @@
+ghost use Rattle.std.specs.Prelude.{◌≡◌};
 ghost use Rattle.drive.specs.Models.{shape_of};
 ghost use Rattle.drive.specs.TrackMajor.{track_major};
 ghost use Rattle.drive.specs.TrackMajorLaws.{IsSound-shape_of};
@@ -14,6 +15,17 @@ pub enum RadModel {
     Sds7212,
     Xerox3214,
     Bench,
+}
+
+impl RadModel {
+    // How the model numbers its places.
+    fn numbering(self) -> TrackMajor
+        ensures { result.shape ≡ shape_of self }
+    {
+        TrackMajor {
+            shape: self.shape(),
+        }
+    }
 }
 
 impl DriveModel for RadModel {
@@ -52,12 +64,10 @@ impl DriveModel for RadModel {
     }
 
     fn number(&self, place: Place) -> Option<u32> {
-        let shape = self.shape();
-        TrackMajor { shape }.number(place)
+        self.numbering().number(place)
     }
 
     fn place(&self, number: u32) -> Option<Place> {
-        let shape = self.shape();
-        TrackMajor { shape }.place(number)
+        self.numbering().place(number)
     }
 }

@@ -1,5 +1,5 @@
 //! The format of a checked image: a record is a state byte, the data and the sum of the data.
-ghost use Rattle.std.specs.Prelude.{◌≡◌, ◌≤◌, ◌==◌, if◌then◌else◌, [], ◌∷◌, drop, length, replicate};
+ghost use Rattle.std.specs.Prelude.{◌≡◌, ◌≤◌, ◌==◌, if◌then◌else◌, [], ◌∷◌, drop, replicate};
 ghost use Rattle.std.specs.Int.{to_be_bytes, w32};
 ghost use Rattle.store.specs.CheckedRecord.{checksum, data_of, good_record, kept_sum, layout};
 ghost use Rattle.store.specs.Formats.{HoldsSectors-checked_format, checked_format};

@@ -1,4 +1,4 @@
-ghost use Rattle.std.specs.Prelude.{◌≡◌, ◌<◌, ◌≤◌, ℕ, if◌then◌else◌, IfNone, IfSome, IfOk, IfErr, length, option_map, slice_set, is_ok, is_some};
+ghost use Rattle.std.specs.Prelude.{◌≡◌, ◌<◌, ◌≤◌, if◌then◌else◌, IfNone, IfSome, IfOk, IfErr, length, option_map, slice_set, is_ok, is_some};
 ghost use Rattle.store.specs.Access.{write_answer, write_sectors};
 ghost use Rattle.store.specs.ImageRecord.{IsRecordOf};
 ghost use Rattle.store.specs.Images.{image_sectors, is_fit, record_count, with_record, written_image};

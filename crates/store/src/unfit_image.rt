@@ -9,7 +9,7 @@ pub struct UnfitImage<'a> {
 
 impl UnfitImage<'_> {
     /// The refusal's number.
-    // A method, as that of a `StoreFault` is.
+    // A method, since `u32::from(&unfit)` would not say what number that is.
     pub fn number(&self) -> u32
         ensures { result ≡ unfit_number }
     {

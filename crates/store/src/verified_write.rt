@@ -1,8 +1,7 @@
-ghost use Rattle.std.specs.Prelude.{◌≡◌, ◌<◌, length, Ok};
+ghost use Rattle.std.specs.Prelude.{◌≡◌, length, Ok};
 ghost use Rattle.std.specs.Result.{result_and};
 ghost use Rattle.store.specs.Access.{access, if_taken, write_answer, write_sectors};
 ghost use Rattle.store.specs.RefusalOrder.{RefusalOrder};
-ghost use Rattle.store.specs.Sector.{good_sector, sector_at};
 ghost use Rattle.store.specs.WriteLaw.{WriteLaw};
 
 use crate::SECTOR_BYTES;
