@@ -1,8 +1,9 @@
 //! The session at the bench: each step prints what it did and what came back.
-ghost use Rattle.std.specs.Prelude.{◌≡◌, ℕ, ◌*◌, ◌%◌, ◌<◌, Some, None, MatchResult, slice_index};
+ghost use Rattle.std.specs.Prelude.{◌≡◌, ◌*◌, Some, None, MatchResult};
 ghost use Rattle.drive.specs.Examples.{geometry_of};
 ghost use Rattle.drive.specs.Places.{place_at, unit_sectors};
 ghost use Rattle.drive.specs.declared.rad_model.RadModel.{RadModel};
+ghost use Rattle.rad.specs.Record.{CountsUp};
 
 use crate::lent_image::{invert_byte, read_sector, write_sector};
 use crate::sample_record::{RECORD_LEN, holds_part, padded_sector, sample_record};
@@ -29,6 +30,8 @@ pub(crate) struct Bench<'a, R> {
     rt: &'a R,
     memory: &'a mut [u8],
     record: [u8; RECORD_LEN],
+    // Every step finds the record that the session started with, so what is compared is what was written.
+    ghost counts_up: { CountsUp «record» },
 }
 
 /// The bytes of an image of a unit of the bench model.
@@ -41,7 +44,7 @@ pub(crate) fn image_bytes() -> usize
 impl<'a, R: Print> Bench<'a, R> {
     pub(crate) fn new(rt: &'a R, memory: &'a mut [u8]) -> Self
         ensures memory { result.memory ≡ memory.entry }
-        ensures record_counts_up { (k : ℕ) → k < 1500 → slice_index result.«record» k ≡ k % 256 }
+        ensures record_counts_up { CountsUp result.«record» }
     {
         Bench {
             rt,

@@ -1,6 +1,7 @@
 //! The record that the program stores, cut into sectors.
-ghost use Rattle.std.specs.Prelude.{◌≡◌, ◌↔◌, ℕ, ◌%◌, ◌<◌, ◌≤◌, length, take, IsTrue, slice_index};
+ghost use Rattle.std.specs.Prelude.{◌≡◌, ◌↔◌, ◌≤◌, length, take, IsTrue};
 ghost use Rattle.rad.specs.Padding.{padded_part};
+ghost use Rattle.rad.specs.Record.{CountsUp};
 
 use std::array;
 use store::SECTOR_BYTES;
@@ -10,7 +11,7 @@ pub const RECORD_LEN: usize = 1500;
 
 /// A record of 1,500 bytes that count up.
 pub fn sample_record() -> [u8; RECORD_LEN]
-    ensures { (k : ℕ) → k < 1500 → slice_index result k ≡ k % 256 }
+    ensures { CountsUp result }
 {
     array::from_fn(|i| (i % 256) as u8)
 }

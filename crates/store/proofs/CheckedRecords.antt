@@ -9,7 +9,7 @@ use Rattle.store.specs.CheckedRecord.{checked_sector, checksum, good_record, lay
 use Rattle.store.specs.Sector.{Sector, good_sector}
 
 -- a record into which the state, the data and the sum were put, one after the other
-put_mid-put_mid-set : (xs d t : List ℕ) → length xs ≡ 1029 → length d ≡ 1024 → length t ≡ 4 → put_mid 1025 4 (put_mid 1 1024 (set xs 0 0) d) t ≡ 0 ∷ (d ++ t)
+pub put_mid-put_mid-set : (xs d t : List ℕ) → length xs ≡ 1029 → length d ≡ 1024 → length t ≡ 4 → put_mid 1025 4 (put_mid 1 1024 (set xs 0 0) d) t ≡ 0 ∷ (d ++ t)
 put_mid-put_mid-set [] d t hx hd ht = absurd (omega arith)
 put_mid-put_mid-set (x ∷ xs) d t hx hd ht =
     let content : take 1024 (d ++ drop 1024 xs) ≡ d = take_at d (drop 1024 xs) 1024 hd in

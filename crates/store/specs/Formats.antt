@@ -13,7 +13,7 @@ plain_format = record { sector_of = good_sector; record_of = λ c. c }
 abbrev pub checked_format : Format
 checked_format = record { sector_of = checked_sector; record_of = good_record }
 
-length-good_record : (c : List ℕ) → length c ≡ 1024 → length (good_record c) ≡ 1029
+pub length-good_record : (c : List ℕ) → length c ≡ 1024 → length (good_record c) ≡ 1029
 unfolding layout
 length-good_record c h = omega (arith, length-append c (to_be_bytes w32 (checksum c)))
 
