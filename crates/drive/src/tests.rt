@@ -60,6 +60,13 @@ fn places_of_the_bench(rt: HostRuntime) {
 }
 
 #[test]
+fn places_are_in_order_of_their_tracks(rt: HostRuntime) {
+    assert!(rt; at(0, 4) < at(1, 0));
+    assert!(rt; at(1, 0) < at(1, 4));
+    assert_eq!(rt; Place::default(), at(0, 0));
+}
+
+#[test]
 fn a_place_has_its_words(rt: HostRuntime) -> Result<(), Fail> {
     let words = at(3, 4).to_string(rt.alloc())?;
     assert_eq!(rt; words.as_str(), "(3, 4)");

@@ -24,13 +24,14 @@ const DAMAGED: u32 = 4;
 
 const DAMAGED_BYTE: usize = 100;
 
-/// The memory of the disc's image, the record that is stored there, and the runtime to print by.
+/// The memory of the disc's image, the record that is stored there, and the runtime to print by. Every step stays
+/// in the memory that the session was lent, as its clause `stays` says.
 #[derive(Drop)]
 pub(crate) struct Bench<'a, R> {
     rt: &'a R,
     memory: &'a mut [u8],
     record: [u8; RECORD_LEN],
-    // Every step finds the record that the session started with, so what is compared is what was written.
+    // Every step finds the record that the session started with, so that what is compared is what was written.
     ghost counts_up: { CountsUp «record» },
 }
 
@@ -53,7 +54,9 @@ impl<'a, R: Print> Bench<'a, R> {
         }
     }
 
-    pub(crate) fn run(&mut self) -> Result<()> {
+    pub(crate) fn run(&mut self) -> Result<()>
+        ensures stays { self.new.memory.ghost_name ≡ self.old.memory.ghost_name }
+    {
         self.open_image()?;
         self.write_record()?;
         self.compare_record()?;
@@ -65,7 +68,9 @@ impl<'a, R: Print> Bench<'a, R> {
         self.read_past_the_end()
     }
 
-    fn open_image(&mut self) -> Result<()> {
+    fn open_image(&mut self) -> Result<()>
+        ensures stays { self.new.memory.ghost_name ≡ self.old.memory.ghost_name }
+    {
         let bytes = self.memory.len();
         match CheckedImage::new(self.memory) {
             Ok(image) => {
@@ -83,7 +88,9 @@ impl<'a, R: Print> Bench<'a, R> {
         }
     }
 
-    fn write_record(&mut self) -> Result<()> {
+    fn write_record(&mut self) -> Result<()>
+        ensures stays { self.new.memory.ghost_name ≡ self.old.memory.ghost_name }
+    {
         let len = self.record.len();
         println!(self.rt; "write a record of {len} bytes at number {FIRST}:")?;
         for (number, part) in (FIRST..MODEL.unit_sectors()).zip(self.record.chunks(SECTOR_BYTES)) {
@@ -100,7 +107,9 @@ impl<'a, R: Print> Bench<'a, R> {
         Ok(())
     }
 
-    fn compare_record(&mut self) -> Result<()> {
+    fn compare_record(&mut self) -> Result<()>
+        ensures stays { self.new.memory.ghost_name ≡ self.old.memory.ghost_name }
+    {
         println!(self.rt; "read the record back and compare it:")?;
         for (number, part) in (FIRST..MODEL.unit_sectors()).zip(self.record.chunks(SECTOR_BYTES)) {
             let mut buffer = [0u8; SECTOR_BYTES];
@@ -115,13 +124,17 @@ impl<'a, R: Print> Bench<'a, R> {
         Ok(())
     }
 
-    fn list_sectors(&mut self) -> Result<()> {
+    fn list_sectors(&mut self) -> Result<()>
+        ensures stays { self.new.memory.ghost_name ≡ self.old.memory.ghost_name }
+    {
         println!(self.rt; "read every sector:")?;
         self.show_sectors(|_| true)?;
         Ok(())
     }
 
-    fn list_bad_sectors(&mut self) -> Result<()> {
+    fn list_bad_sectors(&mut self) -> Result<()>
+        ensures stays { self.new.memory.ghost_name ≡ self.old.memory.ghost_name }
+    {
         println!(self.rt; "look for bad sectors:")?;
         let bad = self.show_sectors(|mark| mark == Mark::Bad)?;
         let sectors = MODEL.unit_sectors();
@@ -132,6 +145,7 @@ impl<'a, R: Print> Bench<'a, R> {
     // Prints the sectors whose marks are asked for, and counts them, in a loop since each turn may fail.
     fn show_sectors<F: Fn(Mark) -> bool>(&mut self, asked: F) -> Result<u32>
         requires { F.IsAlwaysCallable asked }
+        ensures stays { self.new.memory.ghost_name ≡ self.old.memory.ghost_name }
     {
         let mut shown: u32 = 0;
         for number in 0..MODEL.unit_sectors() {
@@ -153,7 +167,9 @@ impl<'a, R: Print> Bench<'a, R> {
         Ok(())
     }
 
-    fn damage_sector(&mut self) -> Result<()> {
+    fn damage_sector(&mut self) -> Result<()>
+        ensures stays { self.new.memory.ghost_name ≡ self.old.memory.ghost_name }
+    {
         let at = DAMAGED as usize * CHECKED_RECORD_BYTES + 1 + DAMAGED_BYTE;
         let old = invert_byte(self.memory, at).context("the image has no such byte")?;
         println!(self.rt;
@@ -162,7 +178,9 @@ impl<'a, R: Print> Bench<'a, R> {
         Ok(())
     }
 
-    fn rewrite_sector(&mut self) -> Result<()> {
+    fn rewrite_sector(&mut self) -> Result<()>
+        ensures stays { self.new.memory.ghost_name ≡ self.old.memory.ghost_name }
+    {
         let content = padded_sector(&self.record[SECTOR_BYTES..]);
         let mut back = [0u8; SECTOR_BYTES];
         let mut image = CheckedImage::over(self.memory);
@@ -171,7 +189,9 @@ impl<'a, R: Print> Bench<'a, R> {
         self.show_sector(DAMAGED, mark, &back)
     }
 
-    fn read_past_the_end(&mut self) -> Result<()> {
+    fn read_past_the_end(&mut self) -> Result<()>
+        ensures stays { self.new.memory.ghost_name ≡ self.old.memory.ghost_name }
+    {
         let past = MODEL.unit_sectors();
         let mut buffer = [0u8; SECTOR_BYTES];
         match read_sector(self.memory, past, &mut buffer) {
