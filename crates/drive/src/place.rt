@@ -3,6 +3,7 @@ ghost use Rattle.std.specs.Prelude.{Some};
 use std::fmt;
 
 /// Where a sector lies in a unit. Anybody may build any place, also one that no model has.
+/// Places are in the order of their tracks, then of their sectors.
 #[derive(Clone, Copy, Debug, Default, PartialEq, Eq, PartialOrd, Ord, Hash)]
 pub struct Place {
     pub track: u32,

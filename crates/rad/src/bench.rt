@@ -93,10 +93,12 @@ impl<'a, R: Print> Bench<'a, R> {
     {
         let len = self.record.len();
         println!(self.rt; "write a record of {len} bytes at number {FIRST}:")?;
-        for (number, part) in (FIRST..MODEL.unit_sectors()).zip(self.record.chunks(SECTOR_BYTES)) {
+        let record = &self.record;
+        let memory = &mut *self.memory;
+        for (number, part) in (FIRST..MODEL.unit_sectors()).zip(record.chunks(SECTOR_BYTES)) {
             let mut back = [0u8; SECTOR_BYTES];
-            write_sector(self.memory, number, &padded_sector(part))?;
-            let mark = read_sector(self.memory, number, &mut back)?;
+            write_sector(memory, number, &padded_sector(part))?;
+            let mark = read_sector(memory, number, &mut back)?;
             let place = place_of(number)?;
             let bytes = part.len();
             let zeros = SECTOR_BYTES.saturating_sub(bytes);
@@ -111,9 +113,11 @@ impl<'a, R: Print> Bench<'a, R> {
         ensures stays { self.new.memory.ghost_name ≡ self.old.memory.ghost_name }
     {
         println!(self.rt; "read the record back and compare it:")?;
-        for (number, part) in (FIRST..MODEL.unit_sectors()).zip(self.record.chunks(SECTOR_BYTES)) {
+        let record = &self.record;
+        let memory = &mut *self.memory;
+        for (number, part) in (FIRST..MODEL.unit_sectors()).zip(record.chunks(SECTOR_BYTES)) {
             let mut buffer = [0u8; SECTOR_BYTES];
-            let mark = read_sector(self.memory, number, &mut buffer)?;
+            let mark = read_sector(memory, number, &mut buffer)?;
             let verdict = if holds_part(&buffer, part) {
                 "as written"
             } else {
